@@ -9,7 +9,7 @@ use Rattle.std.proofs.lemmas.Slice.Eq.{bytes_eq-Decides}
 use Rattle.sfv_text.specs.Keys.{has_key, value_of}
 use Rattle.sfv_text.specs.declared.pair.Pair.{Pair}
 use Rattle.command_line.specs.Command.{IsCommand}
-use Rattle.command_line.specs.Faults.{BeginsCommand, AreParted, HasOption, IsReason, IsStart, IsWordsFault, Need}
+use Rattle.command_line.specs.Faults.{BeginsCommand, AreParted, Exclude, HasOption, IsReason, IsStart, IsWordsFault, Need}
 use Rattle.command_options.specs.Names.{command_word, first_command}
 use Rattle.command_options.specs.Options.{is_taken_by, option_of, row_of, takes, words_of, AreOptions}
 use Rattle.command_line.specs.declared.fault.NextWords.{NextWords}
@@ -408,6 +408,18 @@ excluded_by Wanted given command found taken excluded =
     sign_takes name.Negotiate taken = absurd (false≢true taken)
     sign_takes name.Sample taken = absurd (false≢true taken)
 
+-- what keeps an option out excludes it
+exclude_each : (option given : CommandOption) (found : OptionWords) → excluding_in found option ≡ Some given → Exclude option given
+exclude_each Nonce given found excluded = sym (if_some (word_in found Wanted) Wanted given excluded).0
+exclude_each Wanted given found excluded = sym (if_some (word_in found Nonce) Nonce given excluded).0
+exclude_each Conf given found excluded = absurd (cc excluded)
+exclude_each Now given found excluded = absurd (cc excluded)
+exclude_each Label given found excluded = absurd (cc excluded)
+exclude_each Request given found excluded = absurd (cc excluded)
+exclude_each Script given found excluded = absurd (cc excluded)
+exclude_each Other given found excluded = absurd (cc excluded)
+exclude_each Into given found excluded = absurd (cc excluded)
+
 -- the word is a reason that the options before it make one
 reason_of : (reason : WordsReason) (command : CommandName) (start : List (List ℕ)) (found : OptionWords) (done : List (Pair (List ℕ))) (name : List ℕ) (after : List (List ℕ))
     → IsStart command start → AreOptions command (words_of done) done → AreWordsOf found done → IsNameReason command found name reason
@@ -425,6 +437,7 @@ reason_of (Excluded option given) command start found done name after starts are
     let by = excluded_by option given command found is.1 is.2 in (
       record { after = after; joined = ap (λ (w : List ℕ). w ∷ after) (name_is name option is.0) },
       subst (λ (c : CommandName). HasOption c (start ++ words_of done) given) by.0 (has_option command start found done given by.1.0 starts are are_found by.1.1),
+      exclude_each option given found is.2,
     )
 reason_of NoWords command start found done name after starts are are_found is = absurd is
 reason_of NoCommand command start found done name after starts are are_found is = absurd is
@@ -484,7 +497,14 @@ no_word_after command start all found name option starts so_far next =
       separated = parted_end (start ++ all) ((start ++ words_of done) ++ name ∷ []) (words_parted start all (words_of done) (name ∷ []) so_far.before.joined)
           (begins_next command start all found name [] option starts so_far next);
       is = (
-        record { prefix = start ++ words_of done; joined = ap (λ (w : List ℕ). (start ++ words_of done) ++ w ∷ []) (name_is name option next.named) },
+        record {
+          command = command;
+          start = start;
+          options = done;
+          joined = ap (λ (w : List ℕ). (start ++ words_of done) ++ w ∷ []) (name_is name option next.named);
+          starts = starts;
+          are = so_far.before.are;
+        },
         refl,
       );
       command_is = sym (start_command command start all starts);
@@ -503,7 +523,14 @@ word_wrong command start all found name word after option starts so_far plain ne
           (begins_next command start all found name (word ∷ after) option starts so_far next) none;
       is = (
         word,
-        record { prefix = start ++ words_of done; joined = ap (λ (w : List ℕ). (start ++ words_of done) ++ w ∷ []) (name_is name option next.named) },
+        record {
+          command = command;
+          start = start;
+          options = done;
+          joined = ap (λ (w : List ℕ). (start ++ words_of done) ++ w ∷ []) (name_is name option next.named);
+          starts = starts;
+          are = so_far.before.are;
+        },
         record { after = after; joined = refl },
         bad,
       );

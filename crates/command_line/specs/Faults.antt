@@ -12,6 +12,7 @@ use Rattle.command_options.specs.Options.{row_of, takes, words_of, AreOptions}
 use Rattle.command_options.specs.declared.options.CommandName.{CommandName}
 use Rattle.command_options.specs.declared.options.CommandName.TheVariants as name
 use Rattle.command_options.specs.declared.options.CommandOption.{CommandOption}
+use Rattle.command_options.specs.declared.options.CommandOption.TheVariants.{Nonce, Wanted}
 use Rattle.command_line.specs.declared.fault.WordsReason.{WordsReason}
 use Rattle.command_line.specs.declared.fault.WordsReason.TheVariants.{NoWords, NoCommand, LeftOver, NotTaken, Twice, Excluded, NoWord, BadWord, Missing, NoParams, NoSeed, BadSeed, NoCount, BadCount}
 
@@ -33,11 +34,6 @@ pub record IsFirstOf (word : List ℕ) (words : List (List ℕ)) : Type 0 where
   pub after : List (List ℕ)
   pub joined : words ≡ word ∷ after
 
--- the word comes last
-pub record IsLastOf (word : List ℕ) (words : List (List ℕ)) : Type 0 where
-  pub prefix : List (List ℕ)
-  pub joined : words ≡ prefix ++ word ∷ []
-
 -- the words before the options of a command: its name, and PARAMS after `base`
 abbrev pub IsStart : CommandName → List (List ℕ) → Type 0
 IsStart name.Base words = (params : List ℕ) × (words ≡ codes "base" ∷ params ∷ [])
@@ -53,6 +49,21 @@ pub record HasOption (command : CommandName) (words : List (List ℕ)) (option :
   pub starts : IsStart command start
   pub are : AreOptions command (words_of options) options
   pub has : IsTrue (list_any (has_key (row_of option).word) options)
+
+-- the words are those of a command with options, and then the name of this option
+pub record EndsInName (words : List (List ℕ)) (option : CommandOption) : Type 0 where
+  pub command : CommandName
+  pub start : List (List ℕ)
+  pub options : List (Pair (List ℕ))
+  pub joined : words ≡ (start ++ words_of options) ++ (row_of option).word ∷ []
+  pub starts : IsStart command start
+  pub are : AreOptions command (words_of options) options
+
+-- the options exclude each other
+abbrev pub Exclude : CommandOption → CommandOption → Type 0
+Exclude Nonce given = given ≡ Wanted
+Exclude Wanted given = given ≡ Nonce
+Exclude option given = ⊥
 
 -- each command that the words begin has this word after them, or asks for help
 abbrev pub Need : List (List ℕ) → List ℕ → Type 0
@@ -80,10 +91,10 @@ IsReason (NotTaken command) before from =
 IsReason (Twice command option) before from =
     IsFirstOf (row_of option).word from × HasOption command before option
 IsReason (Excluded option given) before from =
-    IsFirstOf (row_of option).word from × HasOption name.Sign before given
-IsReason (NoWord option) before from = IsLastOf (row_of option).word before × (from ≡ [])
+    IsFirstOf (row_of option).word from × HasOption name.Sign before given × Exclude option given
+IsReason (NoWord option) before from = EndsInName before option × (from ≡ [])
 IsReason (BadWord option) before from =
-    (word : List ℕ) × IsLastOf (row_of option).word before × IsFirstOf word from
+    (word : List ℕ) × EndsInName before option × IsFirstOf word from
     × ((row_of option).may_have word ≡ false)
 IsReason (Missing command option) before from =
     (first_command before ≡ Some command) × Need before (row_of option).word × (from ≡ [])
