@@ -4,7 +4,8 @@
 //!
 //! Whatever takes memory answers [`Memory`] where there is none.
 //!
-//! A class of bytes is what the formats of HTTP call DIGIT, ALPHA, VCHAR, tchar and OWS.
+//! A class of bytes is what the formats of HTTP call DIGIT, ALPHA, VCHAR, tchar and OWS. Tokens and
+//! field names in lower case are tested by name.
 //!
 //! A reader takes a text's prefix and gives a value with the bytes after it, or says how many bytes
 //! were left where it stopped. Counted from the end, a part's fault is the fault of the whole, so
@@ -12,6 +13,8 @@
 //!
 //! ```text
 //! is_tchar(b'!') // true
+//! is_token(b"X-Id") // true
+//! is_field_name(b"X-Id") // false
 //! read_run(Class::Digit, 1, 2, b"123;") // Ok((b"12", b"3;"))
 //! read_word(Class::Alpha, Class::Tchar, b"a1;") // Ok((b"a1", b";"))
 //! read_byte(Byte(b';'), b"a1") // Err(Left(2))
@@ -85,9 +88,9 @@ pub use counted::{read_bytes, read_counted};
 pub use fed_text::FedText;
 pub use literal::read_literal;
 pub use memory::Memory;
-pub use number::{MAX_NUMBER_DIGITS, numbers_have_few_digits, read_number};
+pub use number::{MAX_NUMBER_DIGITS, number_of_digits, numbers_have_few_digits, read_number};
 pub use readers::{Left, read_all, read_byte, read_run, read_word, starts_with};
 pub use sequence::Sequence;
 pub use short::IN_PLACE;
 pub use text::{Text, append_number, append_words};
-pub use texts::{allows_all, is_listed, rest_after};
+pub use texts::{allows_all, is_field_name, is_listed, is_token, rest_after};

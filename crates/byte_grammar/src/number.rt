@@ -29,8 +29,8 @@ fn digit_value(digit: u8) -> u64
     u64::from(digit - b'0')
 }
 
-/// The number that the digits write. So many digits always fit.
-fn number_of(digits: &[u8]) -> u64
+/// The number that the digits write, leading zeros and all. So many digits always fit.
+pub fn number_of_digits(digits: &[u8]) -> u64
     requires { AreBytesOf is_digit 1 MAX_NUMBER_DIGITS digits.now }
     ensures { result ≡ digits_value 10 digits.now }
 {
@@ -60,7 +60,7 @@ pub fn read_number(end: u8, bytes: &[u8]) -> Result<(u64, &[u8]), Left>
     ensures { Gives (λ x. (x.0, x.1.now)) result (number_read end bytes.now) }
 {
     let (digits, rest) = read_digits(bytes)?;
-    let number = number_of(digits);
+    let number = number_of_digits(digits);
     let (_end, rest) = read_byte(Byte(end), rest)?;
     Ok((number, rest))
 }

@@ -289,9 +289,7 @@ fn after_help(words: &[String]) -> Option<&[String]>
     ensures none { IfNone result ((word : List ℕ) (after : List (List ℕ))
         → map string_bytes words.now ≡ word ∷ after → bytes_eq word (codes "--help") ≡ false) }
 {
-    let Some((word, after)) = first_of(words) else {
-        return None;
-    };
+    let (word, after) = first_of(words)?;
     if word == "--help" {
         return Some(after);
     }

@@ -163,7 +163,7 @@ module _ (conf : Configuration) (moment : ℕ) (context : MessageContext) where
 
   -- ---- a stop that says the fault
 
-  -- the wishes are read again without a fault but want of memory
+  -- the wishes are read again without a fault but out of memory
   pub again_memory : (index : ℕ) (f : SignFault) (request : Message) (w : WantFault) → context.related ≡ Some request → IsNegotiateFault conf moment context (nego.Sign index f) → WantsAnswered conf request (Err w)
       → w ≡ want.Memory
   again_memory index f request w related is answered = of_fault w answered

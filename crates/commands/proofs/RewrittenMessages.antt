@@ -3,8 +3,7 @@ use Rattle.std.proofs.Common.{◌≡◌, ◌+◌, ℕ, Option, Some, None, List,
 use Rattle.std.specs.Prelude.{IsTrue}
 use Rattle.std.specs.List.{list_all, list_any, FoldsTo}
 use Rattle.std.proofs.lemmas.Bool.{or_left, or_right}
-use Rattle.framing.specs.Framings.{is_request}
-use Rattle.msg_body.specs.Messages.{Message, IsMessage, Spells, message_text}
+use Rattle.msg_body.specs.Messages.{Message, IsMessage, message_text}
 use Rattle.component_values.specs.Context.{MessageContext, answers_head, context_with}
 use Rattle.conf.specs.Configuration.{Configuration}
 use Rattle.rewrite_script.specs.Lines.{is_writable}

@@ -1,6 +1,6 @@
 //! The command `base`: the signature base of a message (RFC 9421 section 2.5).
 
-ghost use Rattle.std.specs.Prelude.{◌≡◌, length, IsTrue};
+ghost use Rattle.std.specs.Prelude.{length, IsTrue};
 ghost use Rattle.std.specs.List.{list_all};
 ghost use Rattle.component_ids.specs.Identifiers.{is_id_in_range};
 ghost use Rattle.component_ids.specs.SignatureParams.{are_sig_params_in_range};

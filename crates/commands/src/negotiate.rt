@@ -23,7 +23,7 @@ use refusals::DigestRefusal;
 use signing::{SignFault, WantFault, wanted};
 use std::alloc::Global;
 
-/// Want of memory, which is the one fault of wishes that were read without one.
+/// Out of memory, which is the one fault of wishes that were read without one.
 fn only_memory(fault: WantFault) -> Stop
     requires { fault ≡ WantFault.Memory }
     ensures { result ≡ Stop.Memory }

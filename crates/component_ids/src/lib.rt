@@ -36,5 +36,5 @@ pub use params_text::{ParamsText, print_params};
 pub use print::print_id;
 pub use same::same_id;
 pub use scheme::Scheme;
-pub use table::{has_param, is_field_name};
+pub use table::has_param;
 pub use types::{FieldKind, Types};

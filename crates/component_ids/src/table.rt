@@ -1,13 +1,13 @@
 //! The table of names and parameters (RFC 9421 sections 2.1, 2.2 and 2.4).
 
-ghost use Rattle.std.specs.Prelude.{◌≡◌, ◌||◌, not, IfNone, Some, None, option_map, codes};
-ghost use Rattle.std.specs.List.{find, list_all, list_any};
-ghost use Rattle.component_ids.specs.Table.{is_listed, is_name_byte, is_field_name, request_names, keys_of, has_value_type, has_param, have_clash, has_needed};
+ghost use Rattle.std.specs.Prelude.{◌≡◌, ◌||◌, not, Some, None, option_map};
+ghost use Rattle.std.specs.List.{find, list_any};
+ghost use Rattle.component_ids.specs.Table.{is_listed, request_names, keys_of, has_value_type, has_param, have_clash, has_needed};
 ghost use Rattle.component_ids.specs.Reasons.{applies, reasons};
 ghost use Rattle.component_ids.specs.tools.Rows.{row_keys};
 
 use crate::fault::BadReason;
-use byte_grammar::{is_listed, is_tchar};
+use byte_grammar::{is_field_name, is_listed};
 use sfv_text::{BareItem, Pair, Params};
 
 /// A row of the table: which parameters go with a name.
@@ -21,26 +21,6 @@ enum Row {
     QueryParam,
     /// `@status`: none.
     Status,
-}
-
-fn is_name_byte(byte: u8) -> bool
-    ensures { result ≡ is_name_byte byte }
-{
-    is_tchar(byte) && !byte.is_ascii_uppercase()
-}
-
-fn are_name_bytes(bytes: &[u8]) -> bool
-    ensures { result ≡ list_all is_name_byte bytes.now }
-{
-    bytes.iter().all(|byte| is_name_byte(*byte))
-}
-
-/// Whether the text is a field name as component identifiers have it, in lower case (RFC 9421
-/// section 2.1).
-pub fn is_field_name(name: &[u8]) -> bool
-    ensures { result ≡ is_field_name name.now }
-{
-    !name.is_empty() && are_name_bytes(name)
 }
 
 /// The derived components of a request without a parameter of their own.

@@ -1,6 +1,6 @@
 //! The strict texts of structured values.
 
-ghost use Rattle.std.specs.Prelude.{◌≡◌, ℕ, Option, Some, None, List, IfOk, IsTrue, MatchResult};
+ghost use Rattle.std.specs.Prelude.{◌≡◌, ℕ, Some, None, List, IfOk, IsTrue, MatchResult};
 ghost use Rattle.sfv_text.specs.Range.{is_dict_in_range, is_item_in_range};
 ghost use Rattle.sfv_text.specs.Strict.{item_text, list_text, dict_text};
 ghost use Rattle.sfv_read.specs.Reads.{ReadsItem, ReadsList, ReadsDict};

@@ -1,6 +1,6 @@
 //! The keys of a document.
 
-ghost use Rattle.std.specs.Prelude.{◌≡◌, IfErr, IfOk, OnErr, OnOk, option_map, codes, IsTrue};
+ghost use Rattle.std.specs.Prelude.{◌≡◌, IfErr, IfOk, OnOk, option_map, codes, IsTrue};
 ghost use Rattle.std.specs.FinMap as map;
 ghost use Rattle.toml.specs.Data.{string, get_member};
 ghost use Rattle.toml.specs.View.{table_view, view};

@@ -9,8 +9,7 @@ ghost use Rattle.conf_values.specs.Parts.{entries_of};
 ghost use Rattle.conf_values.specs.Values.{is_standard_field, is_type};
 ghost use Rattle.conf_values.specs.tools.Entries.{passes};
 
-use byte_grammar::is_listed;
-use component_ids::is_field_name;
+use byte_grammar::{is_field_name, is_listed};
 use settings::{is_keyid, kind_of_word};
 use toml::{Table, Value};
 

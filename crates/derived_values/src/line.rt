@@ -33,9 +33,7 @@ pub fn target_line<'m>(start: Start<'m>) -> Option<TargetLine<'m>>
     else {
         return None;
     };
-    let Some(parts) = cut_target(method, target) else {
-        return None;
-    };
+    let parts = cut_target(method, target)?;
     Some(TargetLine {
         method,
         target,

@@ -1,11 +1,11 @@
 -- The lengths that fields say.
-use Rattle.std.proofs.Common.{◌≡◌, ◌⊎◌, ℕ, ◌<◌, ◌≤◌, Bool, true, false, not, ◌==◌, ◌&&◌, ◌||◌, List, [], ◌∷◌, length, map, refl, sym, ap, subst, ◌∙◌, inl, inr, arith, codes}
+use Rattle.std.proofs.Common.{◌≡◌, ◌⊎◌, ℕ, Bool, true, false, not, ◌==◌, ◌&&◌, ◌||◌, List, [], ◌∷◌, length, map, refl, sym, ap, subst, ◌∙◌, inl, inr, codes}
 use Rattle.std.specs.Prelude.{filter, nat_lt, nat_le}
 use Rattle.std.specs.List.{list_all}
 use Rattle.std.specs.Str.Parse.{digits_value}
 use Rattle.std.proofs.lemmas.Bool.{and_from, and_parts, cases_Bool, cases_eq, eq-eqb, false≢true, leb-true, ne_eqb, not-true, or_cases}
-use Rattle.std.proofs.lemmas.Bool.Decides.{nat_tests}
 use Rattle.byte_grammar.specs.Classes.{is_digit}
+use Rattle.byte_grammar.specs.Language.{AreBytesOf}
 use Rattle.msg_head.specs.Values.{value}
 use Rattle.framing.specs.Framings.{is_length, are_accepted_lengths}
 use Rattle.list_texts.specs.declared.list.Field.{Field}
@@ -19,18 +19,16 @@ use Rattle.field_lists.proofs.NamedFields.{not_named, some_named}
 
 -- ---- digits
 
--- the bytes of digits
-pub digit_range : (c : ℕ) → is_digit c ≡ true → (48 ≤ c) × (c ≤ 57)
-digit_range c is =
-    let low : 48 ≤ c = grind (arith, nat_tests) in
-    let high : c < 58 = grind (arith, nat_tests) in
-    (low, omega (arith, high))
-
-pub length_parts : (text : List ℕ) → is_length text ≡ true → (length text ≤ 15) × (list_all is_digit text ≡ true)
-length_parts text is =
+-- a length is made of digits, one to fifteen
+pub length_digits : (text : List ℕ) → is_length text ≡ true → AreBytesOf is_digit 1 15 text
+length_digits text is =
     let parts = and_parts (nat_lt 0 (length text)) (nat_le (length text) 15 && list_all is_digit text) is in
-    let rest = and_parts (nat_le (length text) 15) (list_all is_digit text) parts.1 in
-    (leb-true (length text) 15 rest.0, rest.1)
+    let rest = and_parts (nat_le (length text) 15) (list_all is_digit text) parts.1 in record {
+      same = refl;
+      passes = rest.1;
+      least = leb-true 1 (length text) parts.0;
+      most = leb-true (length text) 15 rest.0;
+    }
 
 -- ---- lengths
 

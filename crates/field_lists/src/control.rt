@@ -8,14 +8,13 @@ ghost use Rattle.field_lists.specs.Controls.{Control as ControlData, RequestCont
 ghost use Rattle.field_lists.specs.tools.Allowed.{has_no_fragment, is_allowed, is_allowed_request, is_method};
 ghost use Rattle.field_lists.specs.tools.Sizes.{LeavesRoom, own_size};
 ghost use Rattle.field_lists.specs.tools.Views.{control_of, request_of};
-ghost use Rattle.byte_grammar.specs.Classes.{is_token};
-ghost use Rattle.msg_head.specs.Starts.{is_code};
 ghost use Rattle.derived_values.specs.Targets.{is_scheme};
 ghost use Rattle.derived_values.specs.UriBytes.{is_scheme_byte};
 
 use crate::named::split_named;
-use byte_grammar::{Byte, Class, allows_all, starts_with};
+use byte_grammar::{Byte, Class, allows_all, is_token, starts_with};
 use list_texts::Field;
+use msg_head::is_code;
 
 /// What the pseudo-header fields of a request say, borrowed from them (RFC 9113 section 8.3.1).
 #[derive(Clone, Copy)]
@@ -59,13 +58,6 @@ fn request_of(fields: &[Field]) -> Option<RequestControl<'_>>
         authority,
         path,
     })
-}
-
-// A token (RFC 9110 section 5.6.2).
-fn is_token(text: &[u8]) -> bool
-    ensures { result ≡ is_token text.now }
-{
-    !text.is_empty() && allows_all(Class::Tchar, text)
 }
 
 // A token other than CONNECT, since tunnels aren't read (RFC 9113 section 8.5).
@@ -142,13 +134,6 @@ impl<'l> RequestControl<'l> {
             && is_text(self.authority)
             && is_path_text(self.path)
     }
-}
-
-// A status code: three digits (RFC 9112 section 4).
-fn is_code(text: &[u8]) -> bool
-    ensures { result ≡ is_code text.now }
-{
-    text.len() == 3 && allows_all(Class::Digit, text)
 }
 
 // The control data of the response that begins with this field, and the other fields.

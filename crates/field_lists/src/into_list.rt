@@ -252,9 +252,7 @@ fn content_of(alloc: Global, message: &MessageView<'_>) -> Result<Text, Memory>
     ensures { IfOk result (λ content. content ≡ message_content (message_of message.now)) }
 {
     let mut content = Text::with_capacity(alloc, message.content_len())?;
-    for piece in message.content_pieces() {
-        content.append(piece)?;
-    }
+    message.append_content(&mut content)?;
     Ok(content)
 }
 

@@ -1,12 +1,7 @@
 //! A list of fields with its control data, and what is judged of it.
 
-ghost use Rattle.std.specs.Prelude.{◌≡◌, ◌+◌, ◌<◌, ◌≤◌, ℕ, List, IfOk, IfSome, IfNone, IsTrue, IsFalse, codes, length, map, nat_le, nat_lt, position};
-ghost use Rattle.std.specs.Char.{digit_value};
-ghost use Rattle.std.specs.List.{list_all};
-ghost use Rattle.std.specs.Str.Parse.{digits_value};
+ghost use Rattle.std.specs.Prelude.{◌≡◌, ◌+◌, ◌<◌, ℕ, List, IfOk, IfSome, IfNone, IsTrue, IsFalse, codes, length, map, nat_le, nat_lt, position};
 ghost use Rattle.byte_grammar.specs.Causes.{IsFirst};
-ghost use Rattle.byte_grammar.specs.Classes.{is_digit};
-ghost use Rattle.framing.specs.declared.limits.TheConstants.{MAX_LENGTH_DIGITS};
 ghost use Rattle.framing.specs.Framings.{is_length};
 ghost use Rattle.msg_head.specs.declared.limits.TheConstants.{MAX_HEAD_BYTES, MAX_HEAD_LINES};
 ghost use Rattle.msg_head.specs.Heads.{head_text};
@@ -24,8 +19,8 @@ use crate::control::{Control, split_control};
 use crate::named::{has_field, split_named};
 use crate::to_fault::{MessageLimit, ToFault};
 use crate::values::value_of_line;
-use byte_grammar::{Class, Memory, allows_all};
-use component_ids::{Scheme, is_field_name};
+use byte_grammar::{Class, Memory, allows_all, is_field_name, number_of_digits};
+use component_ids::Scheme;
 use derived_values::scheme_text;
 use list_texts::{Field, FieldList};
 use msg_head::{LineView, MAX_HEAD_BYTES, MAX_HEAD_LINES};
@@ -83,28 +78,6 @@ fn is_length(text: &[u8]) -> bool
     ensures { result ≡ is_length text.now }
 {
     !text.is_empty() && text.len() <= framing::MAX_LENGTH_DIGITS && allows_all(Class::Digit, text)
-}
-
-// The value of a digit.
-fn digit_value(digit: u8) -> usize
-    requires { IsTrue (is_digit digit) }
-    ensures value { result ≡ digit_value digit }
-    ensures below { result < 10 }
-{
-    usize::from(digit - b'0')
-}
-
-// The number that the digits spell.
-fn number_of(digits: &[u8]) -> usize
-    requires few { length digits.now ≤ MAX_LENGTH_DIGITS }
-    requires all { IsTrue (list_all is_digit digits.now) }
-    ensures { result ≡ digits_value 10 digits.now }
-{
-    let mut number = 0;
-    for digit in digits {
-        number = number * 10 + digit_value(*digit);
-    }
-    number
 }
 
 // How many bytes are left of so many after the field line of this field.
@@ -197,7 +170,8 @@ impl<'l> Parts<'l> {
         if !is_length(text) {
             return true;
         }
-        number_of(text) != self.list.content.bytes().len() && !self.control.is_without_content()
+        let length = number_of_digits(text);
+        length != self.list.content.bytes().len() as u64 && !self.control.is_without_content()
     }
 
     // Whether several lengths are said, or one that is none or isn't that of the content.

@@ -26,7 +26,7 @@ pub covered_at : (params : SigParams) (spec : SignSpec) (index : ℕ) → IsFirs
 covered_at params spec index first = any_at (covers_itself spec.label) params.ids index first.there
 
 module _ (context : MessageContext) (spec : SignSpec) where
-  -- want of memory is no cause
+  -- out of memory is no cause
   pub never_memory : (fault : SignFault) → IsSignFault context spec fault → fault ≢ sign.Memory
   never_memory fault is same = (subst (λ (f : SignFault). IsSignFault context spec f) same is).holds
 

@@ -10,7 +10,8 @@ use Rattle.recording.specs.Items.{PlacedItem}
 use Rattle.settings.specs.declared.gateway_conf.GatewayConf.{GatewayConf}
 use Rattle.gateway.specs.Records.{is_pass}
 use Rattle.gateway.specs.RecordTexts.{passed_text, record_line, record_text}
-use Rattle.gateway.specs.Served.{AppendsPart, failed_writes}
+use Rattle.hms_io.specs.Writing.{AppendsPart}
+use Rattle.gateway.specs.Served.{failed_writes}
 use Rattle.gateway.specs.declared.fault.StreamFault.{StreamFault}
 use Rattle.gateway.specs.declared.fault.StreamFault.TheVariants as fault
 use Rattle.gateway.specs.declared.gateway_record.GatewayRecord.{GatewayRecord}

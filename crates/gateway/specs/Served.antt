@@ -1,8 +1,9 @@
 -- What a gateway has written of a stream, and how it ends.
-use Rattle.std.specs.Prelude.{◌≡◌, ◌<◌, ℕ, Bool, Option, Result, Ok, Err, List, [], ◌∷◌, ◌++◌, length, take}
+use Rattle.std.specs.Prelude.{◌≡◌, ℕ, Bool, Option, Result, Ok, Err, List, [], ◌∷◌, ◌++◌}
 use Rattle.std.specs.Io.KnownBytes.{Appends, Consumes, IsAtEnd}
 use Rattle.std.specs.List.{list_all}
 use Rattle.hms_io.specs.Cause.{Rose}
+use Rattle.hms_io.specs.Writing.{AppendsPart}
 use Rattle.settings.specs.Configuration.{Configuration}
 use Rattle.settings.specs.declared.gateway_conf.GatewayConf.{GatewayConf}
 use Rattle.gateway.specs.Records.{is_pass}
@@ -11,10 +12,6 @@ use Rattle.gateway.specs.Streams.{IsServed, IsServedUpTo}
 use Rattle.gateway.specs.declared.fault.StreamFault.{StreamFault}
 use Rattle.gateway.specs.declared.fault.StreamFault.TheVariants.{NotRead, NotWritten}
 use Rattle.gateway.specs.declared.gateway_record.GatewayRecord.{GatewayRecord}
-
--- a prefix of the text, and not all of it, was added to the known bytes
-abbrev pub AppendsPart : Option (List ℕ) → Option (List ℕ) → List ℕ → Type 0
-AppendsPart before now text = (n : ℕ) × (n < length text) × Appends before now (take n text)
 
 -- of the last record a part was written, and those before it whole
 pub record IsBrokenOff (records : List GatewayRecord) (before now : Option (List ℕ))

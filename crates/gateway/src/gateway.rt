@@ -78,7 +78,7 @@ fn reading_of(arrival: Arrival<'_>, related: Option<&MessageView<'_>>) -> Readin
     }
 }
 
-/// Why a text is no message, where that isn't want of memory.
+/// Why a text is no message, where memory wasn't lacking.
 fn bad_fault(fault: MessageFault) -> Result<MessageFault, Memory>
     ensures same { IfOk result (λ own. (own ≡ fault) × (own ≢ out_of_memory)) }
 {

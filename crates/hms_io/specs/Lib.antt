@@ -7,4 +7,5 @@ pub mod OverStd
 pub mod Reading
 pub mod Status
 pub mod Words
+pub mod Writing
 pub mod tools

@@ -1,9 +1,10 @@
 //! Whole texts over a source and a sink.
 
-ghost use Rattle.std.specs.Prelude.{◌≡◌, ◌+◌, ◌<◌, ◌≤◌, ℕ, length, take, IfOk, OnOk, OnErr, IfSome, IsErrOf, MatchResult};
+ghost use Rattle.std.specs.Prelude.{◌≡◌, ◌+◌, ◌<◌, ◌≤◌, ℕ, length, IfOk, OnOk, OnErr, IfSome, IsErrOf, MatchResult};
 ghost use Rattle.std.specs.Io.KnownBytes.{Appends};
 ghost use Rattle.hms_io.specs.Cause.{HasCause, HasFillCause};
 ghost use Rattle.hms_io.specs.Reading.{GivesAll, LosesPrefix, RoseBy};
+ghost use Rattle.hms_io.specs.Writing.{AppendsPart};
 
 use crate::faults::Failed;
 use crate::sink::Sink;
@@ -119,8 +120,7 @@ pub fn put_all<K: Sink>(sink: &mut K, text: &[u8]) -> Result<(), Failed>
     ensures ok { OnOk result (Appends (K.taken sink.old) (K.taken sink.new) text.now) }
 
     // Only a prefix of the text was taken, which isn't all of it.
-    ensures prefix { OnErr result ((n : ℕ) × (n < length text.now)
-        × Appends (K.taken sink.old) (K.taken sink.new) (take n text.now)) }
+    ensures prefix { OnErr result (AppendsPart (K.taken sink.old) (K.taken sink.new) text.now) }
     ensures cause { HasCause (K.faults sink.old) (K.faults sink.new) result }
 
     // Each write takes a byte or ends it, by its fault.

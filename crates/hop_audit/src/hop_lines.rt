@@ -2,7 +2,6 @@
 
 ghost use Rattle.std.specs.Prelude.{◌≡◌, ◌≤◌, ℕ, length, List, OnOk, IfOk, IsTrue};
 ghost use Rattle.std.specs.List.{All, list_all};
-ghost use Rattle.component_values.specs.Context.{MessageContext};
 ghost use Rattle.signatures.specs.MessageSignatures.{AreSignaturesOf};
 ghost use Rattle.msg_body.specs.Messages.{Message};
 ghost use Rattle.rewrite_script.specs.Lines.{is_writable};

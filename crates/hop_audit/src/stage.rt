@@ -58,7 +58,7 @@ impl<'a, 'r> Model for Stage<'a, 'r> {
 }
 
 impl<'a, 'r> Stage<'a, 'r> {
-    ghost use Rattle.std.specs.Prelude.{◌≡◌, ◌≤◌, ◌<◌, length, IfOk, IsTrue, OnOk};
+    ghost use Rattle.std.specs.Prelude.{◌≡◌, ◌≤◌, ◌<◌, IfOk, IsTrue, OnOk};
     ghost use Rattle.component_values.specs.Context.{HasWholeMessage};
     ghost use Rattle.nonces.specs.declared.limits.TheConstants.{MAX_MOMENT};
     ghost use Rattle.settings.specs.ConfMeaning.{meaning};

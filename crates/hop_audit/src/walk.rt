@@ -1,6 +1,6 @@
 //! What the steps of a script make of a message, and which labels' signatures permit them.
 
-ghost use Rattle.std.specs.Prelude.{◌≡◌, ◌↔◌, IsTrue, IsSomeAnd, IfOk};
+ghost use Rattle.std.specs.Prelude.{◌↔◌, IsTrue, IsSomeAnd, IfOk};
 ghost use Rattle.std.specs.List.{AllZip, list_all};
 ghost use Rattle.component_values.specs.Context.{HasWholeMessage, MessageContext, context_of};
 ghost use Rattle.rewrite_script.specs.Lines.{is_writable};

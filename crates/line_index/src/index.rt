@@ -5,7 +5,7 @@ ghost use Rattle.std.specs.List.{range_with_len};
 ghost use Rattle.std.specs.Str.{str_to_ascii_lowercase};
 ghost use Rattle.line_index.specs.tools.Index.{first_bytes, HasFirstPart, after_first, name_by, text_cmp, name_cmp, rest_of_name, tied_cmp, entry_cmp, entry_of, is_key_below, is_named, is_rest_named, IsEntry, IsIndexOf, IsRestFrom};
 
-use crate::name::is_lowered;
+use crate::name::lowers_to;
 use crate::span::{LineSpan, name_of};
 use std::alloc::{AllocError, Global};
 use std::cmp::Ordering;
@@ -101,7 +101,7 @@ fn compare_names(one: &[u8], other: &[u8]) -> Ordering
 fn is_rest_named(written: &[u8], name: &[u8]) -> bool
     ensures { result ≡ is_rest_named (str_to_ascii_lowercase written.now) name.now }
 {
-    written.len() == name.len() && is_lowered(after_first(written), after_first(name))
+    written.len() == name.len() && lowers_to(after_first(written), after_first(name))
 }
 
 // The name of the line with the index; empty where there is no such line.

@@ -23,6 +23,6 @@ mod named;
 mod span;
 
 pub use lines::LineIndex;
-pub use name::is_lowered;
+pub use name::lowers_to;
 pub use named::NamedSpans;
 pub use span::LineSpan;

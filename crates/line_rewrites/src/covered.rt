@@ -6,7 +6,8 @@ ghost use Rattle.msg_head.specs.Views.{field_line_of};
 ghost use Rattle.line_rewrites.specs.Covered.{is_on, is_field_on, is_wrapped_on, covers_field, covers_lines};
 ghost use Rattle.msg_body.specs.SameFields.{name_of};
 
-use component_ids::{ComponentId, SigParams, has_param, is_field_name};
+use byte_grammar::is_field_name;
+use component_ids::{ComponentId, SigParams, has_param};
 use msg_head::{LineView, Side};
 
 /// Whether the component is a field of the message itself (RFC 9421 section 2.1).

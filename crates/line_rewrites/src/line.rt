@@ -1,7 +1,6 @@
 //! Field lines that are written anew.
 
-ghost use Rattle.std.specs.Prelude.{◌≡◌, ◌∷◌, ◌++◌, OnOk, codes, option_map};
-ghost use Rattle.std.specs.Str.{byte};
+ghost use Rattle.std.specs.Prelude.{◌≡◌, ◌++◌, OnOk, codes, option_map};
 ghost use Rattle.msg_head.specs.Lines.{line_text};
 ghost use Rattle.msg_head.specs.Values.{value};
 ghost use Rattle.msg_head.specs.Views.{field_line_of};

@@ -1,10 +1,10 @@
 //! Raw values: their spacing, and what they become.
 
-ghost use Rattle.std.specs.Prelude.{◌≡◌, ◌↔◌, reverse, not, IsTrue, option_map};
+ghost use Rattle.std.specs.Prelude.{◌≡◌, ◌↔◌, IsTrue, option_map};
 ghost use Rattle.byte_grammar.specs.Language.{starts_in};
 ghost use Rattle.msg_body.specs.Spacing.{is_spacing, is_solid, ends_in};
 ghost use Rattle.line_rewrites.specs.RawValues.{IsLoneSpace, IsBeforeLoneSpace, without_first_spacing, without_last_spacing};
-ghost use Rattle.line_rewrites.specs.tools.Computed.{core_of, is_crlf_before, raw_text, padded, folded, unfolded, cut_at_comma, is_space_before_solid};
+ghost use Rattle.line_rewrites.specs.tools.Computed.{is_crlf_before, raw_text, padded, folded, unfolded, cut_at_comma, is_space_before_solid};
 
 use byte_grammar::is_blank;
 

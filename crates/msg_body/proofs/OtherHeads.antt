@@ -77,7 +77,7 @@ section_within lines text before cut = omega (arith, ap (λ (t : List ℕ). leng
 pub no_partial_head : (result : Result HeadRead HeadError) (own : Head) (used : ℕ) → IsHeadUnlessMemory result own used → ¬ (result ≡ Ok head.Partial)
 no_partial_head result own used is e = subst (λ (r : Result HeadRead HeadError). IsHeadUnlessMemory r own used) e is
 
--- and no other fault than want of memory
+-- and no other fault than out of memory
 pub head_fault : (result : Result HeadRead HeadError) (own : Head) (used : ℕ) → IsHeadUnlessMemory result own used → (error : HeadError) → result ≡ Err error → error ≡ Memory
 head_fault result own used is error e = subst (λ (r : Result HeadRead HeadError). IsHeadUnlessMemory r own used) e is
 

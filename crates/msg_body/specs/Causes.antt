@@ -9,7 +9,7 @@ use Rattle.msg_head.specs.Trailers.{IsTrailerUnfinished}
 use Rattle.msg_head.specs.TrailerCauses.{IsTrailerError}
 use Rattle.framing.specs.declared.chunk_limits.TheConstants.{MAX_CONTENT_BYTES}
 use Rattle.framing.specs.declared.chunk_error.ChunkError.{ChunkError}
-use Rattle.framing.specs.Chunks.{Chunks, SpellsChunks}
+use Rattle.framing.specs.Chunks.{SpellsChunks}
 use Rattle.framing.specs.ChunkCauses.{IsChunksError, AreChunksUnfinished}
 use Rattle.framing.specs.declared.error.FramingError.{FramingError}
 use Rattle.framing.specs.declared.kind.Framing.{Framing}

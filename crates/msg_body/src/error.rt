@@ -129,7 +129,7 @@ impl From<FramingError> for MessageError {
 }
 
 impl MessageError {
-    ghost use Rattle.std.specs.Prelude.{◌≡◌, ◌+◌, ◌<◌, ◌^◌};
+    ghost use Rattle.std.specs.Prelude.{◌≡◌, ◌+◌, ◌<◌};
     ghost use Rattle.msg_body.specs.Errors.{chunk_error, trailer_error};
     ghost use Rattle.msg_body.specs.tools.Judged.{IsChunkOffset, IsTrailerOffset};
 

@@ -13,7 +13,7 @@ use crate::view::MessageView;
 use msg_head::{HeadError, HeadRead, TrailerRead, read_head, read_trailer};
 use std::alloc::Global;
 
-/// Want of memory, which is the one error where a head or a trailer section is there.
+/// Out of memory, which is the one error where a head or a trailer section is there.
 fn only_memory(error: HeadError) -> MessageError
     requires { error ≡ HeadError.Memory }
     ensures { result ≡ MessageError.Memory }

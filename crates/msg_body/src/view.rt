@@ -1,6 +1,6 @@
 //! The view of a message.
 
-ghost use Rattle.std.specs.Prelude.{◌≡◌, ◌+◌, ◌<◌, ◌≤◌, length, filter, take, slice_get, Some};
+ghost use Rattle.std.specs.Prelude.{◌≡◌, ◌+◌, ◌<◌, ◌≤◌, ◌++◌, OnOk, length, filter, take, slice_get, Some};
 ghost use Rattle.std.specs.List.{flat_map};
 ghost use Rattle.msg_head.specs.Heads.{head_text};
 ghost use Rattle.msg_head.specs.Lines.{line_text};
@@ -14,6 +14,7 @@ use crate::body::BodyView;
 use crate::content::ContentPieces;
 use framing::Framing;
 use msg_head::{HeadView, LineView, NamedFieldLines, Side, Start};
+use sfv_text::{Memory, Text};
 use std::marker::Model;
 
 /// A message, borrowed from its bytes. A contract sees it as the views of its head and its body and
@@ -192,5 +193,15 @@ impl<'m> MessageView<'m> {
         ensures { content_left result ≡ message_content (message_of self.now) }
     {
         ContentPieces::new(&self.body)
+    }
+
+    /// Adds the content to the text.
+    pub fn append_content(&self, text: &mut Text) -> Result<(), Memory>
+        ensures { OnOk result (text.new ≡ text.old ++ message_content (message_of self.now)) }
+    {
+        for piece in self.content_pieces() {
+            text.append(piece)?;
+        }
+        Ok(())
     }
 }

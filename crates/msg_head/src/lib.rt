@@ -46,6 +46,6 @@ pub use line::LineView;
 pub use line_index::LineSpan;
 pub use named_lines::NamedFieldLines;
 pub use pieces::Pieces;
-pub use start::Start;
+pub use start::{Start, is_code};
 pub use trailer::{TrailerRead, TrailerView, read_trailer};
 pub use view::HeadView;

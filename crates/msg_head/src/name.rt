@@ -5,7 +5,7 @@ ghost use Rattle.msg_head.specs.Views.{field_line_of};
 ghost use Rattle.msg_head.specs.Names.{has_name};
 
 use crate::line::LineView;
-use line_index::is_lowered;
+use line_index::lowers_to;
 
 impl<'m> LineView<'m> {
     /// Whether the line's name in lower case is the name. So a name with a letter in upper case is
@@ -13,6 +13,6 @@ impl<'m> LineView<'m> {
     pub fn is_named(self, name: &[u8]) -> bool
         ensures { result ≡ has_name name.now (field_line_of self.entry) }
     {
-        is_lowered(self.name, name)
+        lowers_to(self.name, name)
     }
 }

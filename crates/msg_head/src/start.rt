@@ -66,8 +66,8 @@ fn read_request(bytes: &[u8]) -> Option<(Start<'_>, &[u8])>
     ))
 }
 
-// Whether the text is a status code.
-fn is_code(text: &[u8]) -> bool
+/// Whether the text is a status code: three digits (RFC 9112 section 4).
+pub fn is_code(text: &[u8]) -> bool
     ensures { result ≡ is_code text.now }
 {
     text.len() == 3 && allows_all(Class::Digit, text)

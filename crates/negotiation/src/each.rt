@@ -26,7 +26,7 @@ fn fault_at(index: usize, fault: SignFault) -> EachFault
     }
 }
 
-/// Want of memory, which is the one error of a text that is a message.
+/// Out of memory, which is the one error of a text that is a message.
 fn only_memory(error: MessageError) -> SignFault
     requires { error ≡ MessageError.Memory }
     ensures { result ≡ SignFault.Memory }

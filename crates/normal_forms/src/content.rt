@@ -102,28 +102,18 @@ pub(crate) fn push_rechunk(
 
 // ---- the text
 
-/// Adds the content as it is.
-fn append_plain(message: &MessageView<'_>, text: &mut Text) -> Result<(), Memory>
-    ensures { OnOk result (text.new ≡ text.old ++ message_content (message_of message.now)) }
-{
-    for piece in message.content_pieces() {
-        text.append(piece)?;
-    }
-    Ok(())
-}
-
 /// Adds the content in one chunk.
 fn append_chunk(alloc: Global, message: &MessageView<'_>, text: &mut Text) -> Result<(), Memory>
     ensures { OnOk result (text.new
         ≡ text.old ++ chunk_text (chunk_of (message_content (message_of message.now)))) }
 {
     append_size(alloc, message.content_len(), text)?;
-    append_plain(message, text)?;
+    message.append_content(text)?;
     text.append(b"\r\n")
 }
 
 /// Adds the content, in one chunk where it is in chunks.
-pub(crate) fn append_content(
+pub(crate) fn append_normal_content(
     alloc: Global,
     message: &MessageView<'_>,
     text: &mut Text,
@@ -132,7 +122,7 @@ pub(crate) fn append_content(
         ≡ text.old ++ body_before (with_normal_chunks (message_of message.now).body)) }
 {
     if !message.has_trailers() {
-        return append_plain(message, text);
+        return message.append_content(text);
     }
     if message.content_len() > 0 {
         append_chunk(alloc, message, text)?;

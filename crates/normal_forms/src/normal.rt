@@ -15,7 +15,7 @@ ghost use Rattle.normal_forms.specs.tools.Parts.{AreNormalParts};
 ghost use Rattle.signatures.specs.Signatures.{HasSignature};
 
 use crate::basis::FIXED_NAMES;
-use crate::content::{append_content, push_rechunk};
+use crate::content::{append_normal_content, push_rechunk};
 use crate::fault::NormalFault;
 use crate::line::NormalLine;
 use crate::side::normal_lines;
@@ -114,7 +114,7 @@ fn normal_text(
     let mut text = Text::with_capacity(alloc, message.bytes().len())?;
     text.append(start_line(message))?;
     append_lines(parts.header.as_slice(), &mut text)?;
-    append_content(alloc, message, &mut text)?;
+    append_normal_content(alloc, message, &mut text)?;
     if message.has_trailers() {
         append_lines(parts.trailer.as_slice(), &mut text)?;
     }

@@ -6,7 +6,7 @@ use Rattle.std.specs.List.{Contains, list_all, zip}
 use Rattle.hms_io.specs.Files.{FileMap}
 use Rattle.hms_io.specs.declared.status.Status.{Status}
 use Rattle.hms_io.specs.declared.status.Status.TheVariants.{Done, NotOk}
-use Rattle.command_line.specs.Command.{CommandLine, Base, Verify, Explain, Audit, BaseWords, VerifyWords, ExplainWords, AuditWords, IsCommand}
+use Rattle.command_line.specs.Command.{CommandLine, Base, Verify, Explain, Audit, BaseWords, VerifyWords, ExplainWords, AuditWords}
 use Rattle.command_line.proofs.CommandLaws.{one_command}
 use Rattle.sfv_text.specs.Classes.{is_key}
 use Rattle.msg_body.specs.Messages.{Message}

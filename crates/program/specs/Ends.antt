@@ -9,7 +9,7 @@ use Rattle.hms_io.specs.Reading.{LosesPrefix}
 use Rattle.hms_io.specs.declared.status.Status.{Status}
 use Rattle.hms_io.specs.declared.status.Status.TheVariants.{ReadFault, WriteFault, OutOfMemory}
 use Rattle.command_line.specs.Command.{CommandLine, IsCommand, NoCommand}
-use Rattle.gateway.specs.Served.{AppendsPart}
+use Rattle.hms_io.specs.Writing.{AppendsPart}
 use Rattle.intake.specs.Files.{FileNames, Found}
 use Rattle.commands.specs.Outcome.{status_of, output_of}
 use Rattle.commands.specs.declared.outcome.Outcome.{Outcome}

@@ -8,7 +8,8 @@ use Rattle.command_line.specs.Command.{Gateway, GatewayWords, IsCommand}
 use Rattle.conf.specs.Configuration.{Configuration}
 use Rattle.settings.specs.declared.gateway_conf.GatewayConf.{GatewayConf}
 use Rattle.recording.specs.declared.limits.TheConstants.{MAX_ITEMS}
-use Rattle.gateway.specs.Served.{AppendsPart, Serves}
+use Rattle.hms_io.specs.Writing.{AppendsPart}
+use Rattle.gateway.specs.Served.{Serves}
 use Rattle.gateway.specs.declared.fault.StreamFault.{StreamFault}
 use Rattle.gateway.specs.declared.fault.StreamFault.TheVariants as stream
 use Rattle.intake.specs.Files.{Found, AreFound, Conf as ConfFile}
@@ -55,7 +56,7 @@ stream_refusal stream.TooManyItems = Some (Of Input (TooManyItems MAX_ITEMS))
 stream_refusal fault = None
 
 -- the status of a stream that was served, each message of which passes or not, or of one that a
--- device or the want of memory has cut off
+-- device or a lack of memory has cut off
 abbrev pub stream_status : Result Bool StreamFault → Status
 stream_status (Ok true) = Done
 stream_status (Ok false) = NotOk

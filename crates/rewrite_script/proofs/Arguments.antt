@@ -7,14 +7,14 @@ use Rattle.std.proofs.lemmas.Bool.{cases_Bool, and_parts, and_from, eqb-true}
 use Rattle.std.proofs.lemmas.Bool.Decides.{nat_tests}
 use Rattle.std.proofs.lemmas.List.{length-map}
 use Rattle.std.proofs.lemmas.Slice.Eq.{bytes_eq-Decides}
-use Rattle.byte_grammar.specs.Classes.{is_blank, is_line_byte, is_tchar, is_token}
+use Rattle.byte_grammar.specs.Classes.{is_blank, is_field_name, is_line_byte, is_name_byte, is_tchar, is_token}
 use Rattle.byte_grammar.specs.Language.{starts_in}
 use Rattle.byte_grammar.proofs.ChoiceLaws.{apart}
 use Rattle.byte_grammar.proofs.ListLaws.{all_implied}
 use Rattle.sfv_text.specs.Classes.{is_key, is_key_first, is_key_rest}
 use Rattle.msg_head.specs.declared.error.Side.{Side}
 use Rattle.msg_head.specs.declared.error.Side.TheVariants.{Header, Trailer}
-use Rattle.rewrite_script.specs.Lines.{side_word, blank_letter, blanks_word, are_blanks, ends_in_space, is_base64_byte, is_list_text, is_lower_name, is_lower_tchar, is_visible_query_byte, is_query_text}
+use Rattle.rewrite_script.specs.Lines.{side_word, blank_letter, blanks_word, are_blanks, ends_in_space, is_base64_byte, is_list_text, is_visible_query_byte, is_query_text}
 use Rattle.rewrite_script.specs.tools.LineWalk.{side_read, is_blank_letter, are_blank_letters, blank_of, blanks_read, name_read, text_read, lower_name_read, query_text_read, key_read, tag_read, params_read}
 use Rattle.rewrite_script.proofs.Cuts.{but}
 use Rattle.rewrite_script.proofs.Exactness.{IsExact, choice, itself_exact, line_byte_of, some_if_is, some_is}
@@ -162,14 +162,14 @@ pub text_exact : IsExact (λ text. text) (list_all is_line_byte) text_read
 unfolding text_read
 text_exact = itself_exact (list_all is_line_byte) (λ text is. is)
 
-lower_tchars : (name : List ℕ) → is_lower_name name ≡ true → list_all is_tchar name ≡ true
+lower_tchars : (name : List ℕ) → is_field_name name ≡ true → list_all is_tchar name ≡ true
 lower_tchars name is =
-    let all = (and_parts (nat_lt 0 (length name)) (list_all is_lower_tchar name) is).1 in
-    all_implied is_lower_tchar is_tchar (λ c one. (and_parts (is_tchar c) (not (is_ascii_uppercase c)) one).0) name all
+    let all = (and_parts (nat_lt 0 (length name)) (list_all is_name_byte name) is).1 in
+    all_implied is_name_byte is_tchar (λ c one. (and_parts (is_tchar c) (not (is_ascii_uppercase c)) one).0) name all
 
-pub lower_name_exact : IsExact (λ name. name) is_lower_name lower_name_read
+pub lower_name_exact : IsExact (λ name. name) is_field_name lower_name_read
 unfolding lower_name_read
-lower_name_exact = itself_exact is_lower_name (λ name is. all_implied is_tchar is_line_byte (line_byte_of is_tchar refl) name (lower_tchars name is))
+lower_name_exact = itself_exact is_field_name (λ name is. all_implied is_tchar is_line_byte (line_byte_of is_tchar refl) name (lower_tchars name is))
 
 pub query_text_exact : IsExact (λ text. text) is_query_text query_text_read
 unfolding query_text_read

@@ -3,14 +3,14 @@
 use Rattle.std.proofs.Common.{◌≡◌, ℕ, true, ◌&&◌, List, [], ◌∷◌, ◌++◌, map, codes, Option, Some, None, refl, sym, ap, ◌∙◌, inl, inr, bytes_eq, append-nil}
 use Rattle.std.specs.Fmt.{decimal}
 use Rattle.std.specs.List.{join_by, list_all}
-use Rattle.byte_grammar.specs.Classes.{is_line_byte, is_token}
+use Rattle.byte_grammar.specs.Classes.{is_field_name, is_line_byte, is_token}
 use Rattle.sfv_text.specs.Classes.{is_key}
 use Rattle.msg_head.specs.declared.error.Side.{Side}
 use Rattle.rewrite_script.specs.declared.rewrite.Rewrite.{Rewrite}
 use Rattle.rewrite_script.specs.declared.rewrite.LineRewrite.TheVariants.{Pad, Fold, Unfold, Join, Split, Move, Case, Add, Remove}
 use Rattle.rewrite_script.specs.declared.rewrite.Rewrite.TheVariants.{Lines, Whole}
 use Rattle.rewrite_script.specs.declared.rewrite.WholeRewrite.TheVariants.{AddLabel, Rechunk, Chunk, Dechunk, Origin, Absolute, Host, Query, Resf}
-use Rattle.rewrite_script.specs.Lines.{side_word, blanks_word, is_number, are_blanks, is_base64_byte, is_list_text, is_lower_name, is_writable, rewrite_line, rewrite_words}
+use Rattle.rewrite_script.specs.Lines.{side_word, blanks_word, is_number, are_blanks, is_base64_byte, is_list_text, is_writable, rewrite_line, rewrite_words}
 use Rattle.rewrite_script.specs.Laws.{HasOneRewriting}
 use Rattle.rewrite_script.specs.tools.LineWalk.{◌>>=◌, cut_read, then_read, spaced, side_read, number_read, blanks_read, name_read, text_read, two_read, pad_read, fold_read, unfold_read, join_read, split_read, move_read, case_read, add_read, remove_read, key_read, tag_read, params_read, lower_name_read, add_label_read, rechunk_read, chunk_read, host_read, query_read, resf_read, message_read, rewrite_read, word_read, parts_read, line_read}
 use Rattle.rewrite_script.proofs.Cuts.{cut_sound}
@@ -46,7 +46,7 @@ add_exact = then_exact side_exact side_free (then_exact number_exact number_free
 label_exact : IsExact (λ (a : List ℕ × (List ℕ × List ℕ)). a.0 ++ 32 ∷ (a.1.0 ++ 32 ∷ a.1.1)) (λ a. is_key a.0 && (list_all is_base64_byte a.1.0 && is_list_text a.1.1)) (then_read key_read (then_read tag_read params_read))
 label_exact = then_exact key_exact key_free (then_exact tag_exact tag_free params_exact)
 
-resf_exact : IsExact (λ (a : Side × List ℕ). side_word a.0 ++ 32 ∷ a.1) (λ a. is_lower_name a.1) (then_read side_read lower_name_read)
+resf_exact : IsExact (λ (a : Side × List ℕ). side_word a.0 ++ 32 ∷ a.1) (λ a. is_field_name a.1) (then_read side_read lower_name_read)
 resf_exact = then_exact side_exact side_free lower_name_exact
 
 -- ---- what is read is a line of a rewriting

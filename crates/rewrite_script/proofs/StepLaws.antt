@@ -1,5 +1,5 @@
 -- A step by itself.
-use Rattle.std.proofs.Common.{◌≡◌, ℕ, List, Some, sym, ap, ◌∙◌}
+use Rattle.std.proofs.Common.{◌≡◌, ℕ, List, Some, ap, ◌∙◌}
 use Rattle.rewrite_script.specs.declared.fault.LineFault.TheVariants.{NotSpelled}
 use Rattle.rewrite_script.specs.declared.rewrite.Rewrite.{Rewrite}
 use Rattle.rewrite_script.specs.Lines.{HasValues, IsNoLine, SpellsLine}

@@ -7,9 +7,7 @@ use Rattle.std.specs.List.{join_by, list_all}
 use Rattle.std.specs.Str.{byte}
 use Rattle.base64.specs.Engines.{standard}
 use Rattle.base64.specs.GeneralPurpose.{IsBytes, encode_of}
-use Rattle.byte_grammar.specs.Classes.{is_alpha, is_blank, is_digit, is_line_byte, is_one_of, is_token, is_visible}
-pub use Rattle.byte_grammar.specs.Classes.{is_name_byte as is_lower_tchar}
-pub use Rattle.byte_grammar.specs.Classes.{is_field_name as is_lower_name}
+use Rattle.byte_grammar.specs.Classes.{is_alpha, is_blank, is_digit, is_field_name, is_line_byte, is_one_of, is_token, is_visible}
 use Rattle.byte_grammar.specs.Language.{starts_in}
 use Rattle.sfv_text.specs.Classes.{is_key}
 use Rattle.sfv_text.specs.declared.value.InnerList.{InnerList}
@@ -153,7 +151,7 @@ is_whole_writable Origin = true
 is_whole_writable Absolute = true
 is_whole_writable (Host text) = list_all is_line_byte text
 is_whole_writable (Query text) = is_query text
-is_whole_writable (Resf side name) = is_lower_name name
+is_whole_writable (Resf side name) = is_field_name name
 
 -- a line can write the rewriting
 abbrev pub is_writable : Rewrite → Bool

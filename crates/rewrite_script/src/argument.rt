@@ -1,12 +1,9 @@
 //! The words of a line.
 
-ghost use Rattle.std.specs.Prelude.{◌≡◌, ◌<◌, ◌++◌, ◌∷◌, [], ℕ, None, Some, map, option_map, IfOk, IsTrue, MatchResult};
-ghost use Rattle.std.specs.Char.{digit_value};
+ghost use Rattle.std.specs.Prelude.{◌≡◌, ◌++◌, ◌∷◌, [], ℕ, None, Some, map, option_map, IfOk, MatchResult};
 ghost use Rattle.std.specs.List.{list_all};
 ghost use Rattle.std.specs.Str.{byte};
-ghost use Rattle.std.specs.Str.Parse.{digits_value};
-ghost use Rattle.byte_grammar.specs.Classes.{is_digit, is_line_byte, is_tchar, is_token};
-ghost use Rattle.rewrite_script.specs.Lines.{is_lower_name, is_lower_tchar, is_visible_query_byte, is_query_text};
+ghost use Rattle.rewrite_script.specs.Lines.{is_visible_query_byte, is_query_text};
 ghost use Rattle.rewrite_script.specs.declared.fault.LineFault.TheVariants.{NotSpelled};
 ghost use Rattle.rewrite_script.specs.tools.LineWalk.{cut_read, side_read, is_number_word, has_leading_zero, number_read, is_blank_letter, are_blank_letters, blank_of, blanks_read, name_read, text_read, lower_name_read, query_text_read, sizes_read, some_if};
 ghost use Rattle.rewrite_script.specs.tools.Gives.{Gives};
@@ -14,7 +11,10 @@ ghost use Rattle.rewrite_script.specs.tools.Gives.{Gives};
 use crate::fault::LineFault;
 use crate::limits::{MAX_BLANKS, MAX_NUMBER_DIGITS};
 use crate::rewrite::Sizes;
-use byte_grammar::{Byte, ByteClass, Class, is_tchar, read_all, starts_with};
+use byte_grammar::{
+    Byte, ByteClass, Class, allows_all, is_field_name, is_token, number_of_digits, read_all,
+    starts_with,
+};
 use msg_head::Side;
 use sfv_text::{Memory, Text};
 use std::alloc::Global;
@@ -65,12 +65,6 @@ pub(crate) fn side_of(word: &[u8]) -> Result<Side, LineFault>
     }
 }
 
-fn are_digits(bytes: &[u8]) -> bool
-    ensures { result ≡ list_all is_digit bytes.now }
-{
-    bytes.iter().all(|byte| byte.is_ascii_digit())
-}
-
 /// Whether the first of several digits is zero.
 fn has_leading_zero(word: &[u8]) -> bool
     ensures { result ≡ has_leading_zero word.now }
@@ -84,29 +78,8 @@ fn is_number(word: &[u8]) -> bool
 {
     !word.is_empty()
         && word.len() <= MAX_NUMBER_DIGITS
-        && are_digits(word)
+        && allows_all(Class::Digit, word)
         && !has_leading_zero(word)
-}
-
-/// The value of a digit.
-fn digit_value(digit: u8) -> usize
-    requires { IsTrue (is_digit digit) }
-    ensures value { result ≡ digit_value digit }
-    ensures below { result < 10 }
-{
-    usize::from(digit - b'0')
-}
-
-/// The number that the digits write. So many digits always fit.
-fn number_of_digits(digits: &[u8]) -> usize
-    requires { IsTrue (is_number_word digits.now) }
-    ensures { result ≡ digits_value 10 digits.now }
-{
-    let mut number = 0;
-    for digit in digits {
-        number = number * 10 + digit_value(*digit);
-    }
-    number
 }
 
 /// The number that the word writes.
@@ -117,7 +90,7 @@ pub(crate) fn number_of(word: &[u8]) -> Result<usize, LineFault>
     if !is_number(word) {
         return Err(LineFault::NotSpelled);
     }
-    Ok(number_of_digits(word))
+    Ok(number_of_digits(word) as usize)
 }
 
 /// Whether the byte is the letter of a blank.
@@ -182,19 +155,6 @@ pub(crate) fn text_where(alloc: Global, is_so: bool, bytes: &[u8]) -> Result<Tex
     Ok(Text::from_bytes(alloc, bytes)?)
 }
 
-fn are_tchars(bytes: &[u8]) -> bool
-    ensures { result ≡ list_all is_tchar bytes.now }
-{
-    bytes.iter().all(|byte| is_tchar(*byte))
-}
-
-/// Whether the word is a token (RFC 9110 section 5.6.2).
-fn is_token(word: &[u8]) -> bool
-    ensures { result ≡ is_token word.now }
-{
-    !word.is_empty() && are_tchars(word)
-}
-
 /// The field name that the word is (RFC 9110 section 5.1).
 #[tactic(auto, unfolding(crate::specs::tools::LineWalk::name_read))]
 pub(crate) fn name_of(alloc: Global, word: &[u8]) -> Result<Text, LineFault>
@@ -203,18 +163,12 @@ pub(crate) fn name_of(alloc: Global, word: &[u8]) -> Result<Text, LineFault>
     text_where(alloc, is_token(word), word)
 }
 
-pub(crate) fn are_line_bytes(bytes: &[u8]) -> bool
-    ensures { result ≡ list_all is_line_byte bytes.now }
-{
-    bytes.iter().all(|byte| Class::LineByte.allows(*byte))
-}
-
 /// The text that the rest of a line is: any bytes but NUL, CR and LF.
 #[tactic(auto, unfolding(crate::specs::tools::LineWalk::text_read))]
 pub(crate) fn text_of(alloc: Global, rest: &[u8]) -> Result<Text, LineFault>
     ensures { Gives (λ text. text) result (text_read rest.now) }
 {
-    text_where(alloc, are_line_bytes(rest), rest)
+    text_where(alloc, allows_all(Class::LineByte, rest), rest)
 }
 
 /// Adds the number that the word writes.
@@ -242,31 +196,12 @@ pub(crate) fn sizes_of(alloc: Global, bytes: &[u8]) -> Result<Sizes, LineFault>
     Ok(sizes)
 }
 
-fn is_lower_tchar(byte: u8) -> bool
-    ensures { result ≡ is_lower_tchar byte }
-{
-    is_tchar(byte) && !byte.is_ascii_uppercase()
-}
-
-fn are_lower_tchars(bytes: &[u8]) -> bool
-    ensures { result ≡ list_all is_lower_tchar bytes.now }
-{
-    bytes.iter().all(|byte| is_lower_tchar(*byte))
-}
-
-/// Whether the word is a field name in lower case.
-fn is_lower_name(word: &[u8]) -> bool
-    ensures { result ≡ is_lower_name word.now }
-{
-    !word.is_empty() && are_lower_tchars(word)
-}
-
 /// The field name in lower case that the word is.
 #[tactic(auto, unfolding(crate::specs::tools::LineWalk::lower_name_read))]
 pub(crate) fn lower_name_of(alloc: Global, word: &[u8]) -> Result<Text, LineFault>
     ensures { Gives (λ name. name) result (lower_name_read word.now) }
 {
-    text_where(alloc, is_lower_name(word), word)
+    text_where(alloc, is_field_name(word), word)
 }
 
 fn is_visible_query_byte(byte: u8) -> bool

@@ -8,12 +8,12 @@ ghost use Rattle.rewrite_script.specs.Lines.{ends_in_space, is_base64_byte, is_l
 ghost use Rattle.rewrite_script.specs.tools.LineWalk.{key_read, tag_read, params_read};
 ghost use Rattle.rewrite_script.specs.tools.Gives.{Gives, Decides};
 
-use crate::argument::{are_line_bytes, text_where};
+use crate::argument::text_where;
 use crate::fault::LineFault;
 use crate::rewrite::{Rewrite, WholeRewrite};
 use base64::DecodeAllocError;
 use base64::engine::general_purpose::STANDARD;
-use byte_grammar::{Byte, starts_with};
+use byte_grammar::{Byte, Class, allows_all, starts_with};
 use sfv_read::{SfError, read_inner};
 use sfv_text::{Memory, Text, is_key};
 use std::alloc::Global;
@@ -60,7 +60,7 @@ fn ends_in_space(text: &[u8]) -> bool
 fn is_list_text(text: &[u8]) -> bool
     ensures { result ≡ is_list_text text.now }
 {
-    are_line_bytes(text) && (starts_with(Byte(b'('), text) && !ends_in_space(text))
+    allows_all(Class::LineByte, text) && (starts_with(Byte(b'('), text) && !ends_in_space(text))
 }
 
 /// The parameters that the rest of the line is, by its bytes.

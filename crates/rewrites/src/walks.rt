@@ -1,6 +1,6 @@
 //! Lists of steps, each taken on the message that the one before it gave.
 
-ghost use Rattle.std.specs.Prelude.{◌≡◌, ◌+◌, ◌^◌, ◌<◌, length, IsTrue};
+ghost use Rattle.std.specs.Prelude.{◌+◌, ◌^◌, ◌<◌, IsTrue};
 ghost use Rattle.std.specs.List.{list_all};
 ghost use Rattle.component_values.specs.Context.{HasWholeMessage, answers_head, context_of};
 ghost use Rattle.rewrite_script.specs.Lines.{is_writable};

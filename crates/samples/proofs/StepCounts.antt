@@ -1,5 +1,5 @@
 -- How many steps the hops of a sample have.
-use Rattle.std.proofs.Common.{◌≡◌, ◌*◌, ℕ, zero, suc, List, [], ◌∷◌, ◌++◌, length, refl, ap, arith}
+use Rattle.std.proofs.Common.{◌≡◌, ◌*◌, ℕ, zero, suc, List, [], ◌∷◌, length, refl, ap, arith}
 use Rattle.std.specs.List.{flat_map}
 use Rattle.std.proofs.lemmas.List.{length-append}
 use Rattle.msg_body.specs.Messages.{Message}
@@ -7,7 +7,7 @@ use Rattle.rewrite_script.specs.declared.rewrite.Rewrite.{Rewrite}
 use Rattle.hop_audit.specs.ChainValues.{Hop}
 use Rattle.samples.specs.Chains.{AreHopsFrom}
 use Rattle.samples.specs.Draws.{state_after}
-use Rattle.samples.specs.Scripts.{hop_draws, hop_steps, scripts_from}
+use Rattle.samples.specs.Scripts.{hop_draws, scripts_from}
 
 -- three each
 pub steps_of_hops : (count state : ℕ) (message : Message) (hops : List Hop) → AreHopsFrom message (scripts_from state count) hops → length (flat_map (λ hop. hop.script) hops) ≡ 3 * length hops

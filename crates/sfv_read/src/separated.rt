@@ -1,6 +1,6 @@
 //! Lists and Dictionaries: members separated by commas (RFC 9651 sections 4.2.1 and 4.2.2).
 
-ghost use Rattle.std.specs.Prelude.{◌≡◌, ◌≤◌, ◌<◌, ◌||◌, ℕ, List as Listed, [], false, Option, Some, None, Result, Ok, length, OnOk, IfErr};
+ghost use Rattle.std.specs.Prelude.{◌≡◌, ◌≤◌, ◌<◌, ◌||◌, ℕ, List as Listed, [], false, Some, None, Result, Ok, length, OnOk, IfErr};
 ghost use Rattle.byte_grammar.specs.tools.Walks.{with_state, IsLoop};
 ghost use Rattle.sfv_text.specs.Keys.{has_key};
 ghost use Rattle.sfv_read.specs.Item.{put_pair};

@@ -1,6 +1,6 @@
 //! Lists of pairs with distinct keys.
 
-ghost use Rattle.std.specs.Prelude.{◌≡◌, ◌<◌, ◌++◌, ◌∷◌, ◌↔◌, true, false, [], Some, IfSome, IfNone, length, slice_get, option_copied, vec_len, vec_capacity, IsTrue, OnOk, OnErr};
+ghost use Rattle.std.specs.Prelude.{◌≡◌, ◌<◌, ◌++◌, ◌∷◌, ◌↔◌, false, [], Some, length, slice_get, option_copied, vec_len, vec_capacity, IsTrue, OnOk, OnErr};
 ghost use Rattle.std.specs.List.{find, list_any};
 ghost use Rattle.std.specs.Slice.Iter.{iter_rest};
 ghost use Rattle.sfv_text.specs.Keys.{put, has_key, have_distinct_keys, value_of};

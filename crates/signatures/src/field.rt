@@ -1,6 +1,6 @@
 //! Header fields that are Dictionaries.
 
-ghost use Rattle.std.specs.Prelude.{◌≡◌, IfOk};
+ghost use Rattle.std.specs.Prelude.{IfOk};
 ghost use Rattle.msg_body.specs.Views.{message_of};
 ghost use Rattle.signatures.specs.Fields.{IsFieldOf};
 

@@ -1,6 +1,6 @@
 //! The two header fields that have the signatures of a message.
 
-ghost use Rattle.std.specs.Prelude.{◌≡◌, IsTrue, IfOk};
+ghost use Rattle.std.specs.Prelude.{IsTrue, IfOk};
 ghost use Rattle.byte_grammar.specs.Causes.{AnswersWhere};
 ghost use Rattle.msg_body.specs.Messages.{Message};
 ghost use Rattle.msg_body.specs.Views.{message_of};

@@ -86,7 +86,7 @@ fn make_of_context(
     }
 }
 
-/// Want of memory, which is the one error of a head that is known to be there.
+/// Out of memory, which is the one error of a head that is known to be there.
 fn only_memory(error: MessageError) -> SignFault
     requires { error ≡ MessageError.Memory }
     ensures { result ≡ SignFault.Memory }

@@ -1,7 +1,7 @@
 //! Whether the required components are covered.
 
 ghost use Rattle.std.specs.Prelude.{◌≡◌, not, option_copied};
-ghost use Rattle.std.specs.List.{All, find, list_any};
+ghost use Rattle.std.specs.List.{All, find};
 ghost use Rattle.component_ids.specs.Sameness.{is_same};
 ghost use Rattle.signatures.specs.tools.Answered.{Explains};
 ghost use Rattle.verdicts.specs.Policies.{IsCovered};

@@ -8,7 +8,7 @@ ghost use Rattle.component_ids.specs.SignatureParams.{are_sig_params_in_range};
 ghost use Rattle.signatures.specs.Signatures.{HasSignature};
 ghost use Rattle.signatures.specs.tools.Answered.{Explains};
 ghost use Rattle.signatures.specs.Rules.{IsFirstFailure};
-ghost use Rattle.verdicts.specs.KnownTags.{IsKnownOf, KnowsTag};
+ghost use Rattle.verdicts.specs.KnownTags.{KnowsTag};
 ghost use Rattle.verdicts.specs.Parameters.{keyid_of};
 ghost use Rattle.verdicts.specs.Rules.{Fails, key_in};
 ghost use Rattle.verdicts.specs.Verdicts.{IsVerdict, is_verdict_in_range};

@@ -1,8 +1,5 @@
 //! What is known of a tag before its label is judged.
 
-ghost use Rattle.component_values.specs.Context.{MessageContext};
-ghost use Rattle.settings.specs.Configuration.{Configuration};
-ghost use Rattle.std.specs.Prelude.{ℕ, List, ◌≡◌};
 ghost use Rattle.verdicts.specs.KnownTags.{KnowsTag};
 ghost use Rattle.verdicts.specs.Verdicts.{IsVerdict};
 ghost use Rattle.verdicts.specs.Verification.{Verification};

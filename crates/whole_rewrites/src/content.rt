@@ -88,16 +88,6 @@ fn append_head_with(
 
 // ---- content
 
-/// Adds the message's content as it is.
-fn append_content(message: &MessageView<'_>, text: &mut Text) -> Result<(), Memory>
-    ensures { OnOk result (text.new ≡ text.old ++ message_content (message_of message.now)) }
-{
-    for piece in message.content_pieces() {
-        text.append(piece)?;
-    }
-    Ok(())
-}
-
 /// Adds the message's content in chunks of these sizes, and the last chunk.
 fn append_in_chunks(
     alloc: Global,
@@ -110,7 +100,7 @@ fn append_in_chunks(
         ++ chunks_text (sized_chunks sizes.now (message_content (message_of message.now)))) }
 {
     let mut content = Text::with_capacity(alloc, message.content_len())?;
-    append_content(message, &mut content)?;
+    message.append_content(&mut content)?;
     append_chunks(content.bytes(), sizes, text)
 }
 
@@ -224,6 +214,6 @@ pub(crate) fn dechunked(alloc: Global, context: &Context<'_, '_>) -> Result<Text
     let lines = header_of(message);
     let mut text = Text::with_capacity(alloc, message.bytes().len())?;
     append_head_of_length(alloc, &lines, index, message.content_len(), &mut text)?;
-    append_content(message, &mut text)?;
+    message.append_content(&mut text)?;
     Ok(text)
 }

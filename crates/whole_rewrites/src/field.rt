@@ -2,7 +2,7 @@
 
 ghost use Rattle.std.specs.Prelude.{◌≡◌, ◌+◌, ◌^◌, ◌<◌, ◌≤◌, ◌++◌, ◌∷◌, [], length, drop, IsTrue, IsFalse, IfSome, MatchOption, OnOk};
 ghost use Rattle.std.specs.List.{list_all};
-ghost use Rattle.byte_grammar.specs.Classes.{is_line_byte};
+ghost use Rattle.byte_grammar.specs.Classes.{is_field_name, is_line_byte};
 ghost use Rattle.msg_head.specs.Lines.{line_text};
 ghost use Rattle.msg_head.specs.Values.{combined_value, is_there};
 ghost use Rattle.msg_head.specs.Views.{field_line_of};
@@ -10,7 +10,6 @@ ghost use Rattle.msg_body.specs.Views.{lines_on, message_of};
 ghost use Rattle.component_ids.specs.Types.{kind_in};
 ghost use Rattle.component_values.specs.Context.{HasWholeMessage, context_of};
 ghost use Rattle.component_values.specs.Values.{KindRow};
-ghost use Rattle.rewrite_script.specs.Lines.{is_lower_name};
 ghost use Rattle.rewrite_script.specs.declared.rewrite.WholeRewrite.TheVariants.{Host, Resf};
 ghost use Rattle.line_rewrites.specs.Sides.{lines_text, text_with};
 ghost use Rattle.whole_rewrites.specs.tools.Fields.{AnswersStrict, IsFirstAt, with_text, without_name};
@@ -169,7 +168,7 @@ pub(crate) fn in_strict_form(
     side: Side,
     name: &[u8],
 ) -> Result<Text, ApplyFault>
-    requires writable { IsTrue (is_lower_name name.now) }
+    requires writable { IsTrue (is_field_name name.now) }
     requires whole { HasWholeMessage (context_of context.now) }
     ensures { Offers (context_of context.now) (Resf side name.now) result }
 {

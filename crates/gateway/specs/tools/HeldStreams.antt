@@ -13,7 +13,7 @@ use Rattle.settings.specs.declared.gateway_conf.GatewayConf.{GatewayConf}
 use Rattle.gateway.specs.Arrivals.{Arrival}
 use Rattle.gateway.specs.Records.{is_pass}
 use Rattle.gateway.specs.Seen.{nothing_seen}
-use Rattle.gateway.specs.Served.{AppendsPart}
+use Rattle.hms_io.specs.Writing.{AppendsPart}
 use Rattle.gateway.specs.RecordTexts.{is_record_in_range, record_text, records_text}
 use Rattle.gateway.specs.Streams.{AddsRecord, MeetsItem, RelatedRequest, StreamState}
 use Rattle.gateway.specs.declared.fault.StreamFault.{StreamFault}

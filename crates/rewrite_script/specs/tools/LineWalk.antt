@@ -3,13 +3,13 @@ use Rattle.std.specs.Prelude.{ℕ, Bool, ◌&&◌, ◌||◌, ◌==◌, not, nat_
 use Rattle.std.specs.List.{list_all}
 use Rattle.std.specs.Str.{byte, bytes_eq}
 use Rattle.std.specs.Str.Parse.{digits_value}
-use Rattle.byte_grammar.specs.Classes.{is_digit, is_line_byte, is_token}
+use Rattle.byte_grammar.specs.Classes.{is_digit, is_field_name, is_line_byte, is_token}
 use Rattle.byte_grammar.specs.Language.{starts_in}
 use Rattle.sfv_text.specs.Classes.{is_key}
 use Rattle.msg_head.specs.declared.error.Side.{Side}
 use Rattle.msg_head.specs.declared.error.Side.TheVariants.{Header, Trailer}
 use Rattle.rewrite_script.specs.declared.limits.TheConstants.{MAX_BLANKS, MAX_NUMBER_DIGITS}
-use Rattle.rewrite_script.specs.Lines.{is_base64_byte, is_list_text, is_lower_name, is_query_text}
+use Rattle.rewrite_script.specs.Lines.{is_base64_byte, is_list_text, is_query_text}
 use Rattle.rewrite_script.specs.declared.rewrite.Rewrite.{Rewrite}
 use Rattle.rewrite_script.specs.declared.rewrite.LineRewrite.TheVariants.{Pad, Fold, Unfold, Join, Split, Move, Case, Add, Remove}
 use Rattle.rewrite_script.specs.declared.rewrite.Rewrite.TheVariants.{Lines, Whole}
@@ -91,7 +91,7 @@ unfoldable pub text_read : Reader (List ℕ)
 text_read text = some_if (list_all is_line_byte text) text
 
 unfoldable pub lower_name_read : Reader (List ℕ)
-lower_name_read word = some_if (is_lower_name word) word
+lower_name_read word = some_if (is_field_name word) word
 
 unfoldable pub query_text_read : Reader (List ℕ)
 query_text_read text = some_if (is_query_text text) text

@@ -3,7 +3,7 @@ use Rattle.std.proofs.lemmas.Iterator.Search.{all_from_yields_List}
 use Rattle.std.proofs.lemmas.Iterator.{YieldsList-from_slice, YieldsList-from_zip}
 use Rattle.std.specs.Slice.Iter.{iter_rest}
 use Rattle.line_index.proofs.Lowered.{is_pair_lowered, all_lowered}
-use Rattle.line_index.proofs.name.is_lowered.Goals as goal
+use Rattle.line_index.proofs.name.lowers_to.Goals as goal
 
 pub returns-then-text-name : goal.returns-then-text-name
 returns-then-text-name c =

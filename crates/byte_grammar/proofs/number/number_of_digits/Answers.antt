@@ -3,7 +3,7 @@ use Rattle.std.proofs.Math.Nat.{pow-le-pow_right}
 use Rattle.std.proofs.lemmas.Int.Digits.{digits_value_more}
 use Rattle.std.proofs.lemmas.List.Sums.{AllPass-from_list_all}
 use Rattle.byte_grammar.specs.Classes.{is_digit}
-use Rattle.byte_grammar.proofs.number.number_of.Goals as goal
+use Rattle.byte_grammar.proofs.number.number_of_digits.Goals as goal
 
 -- one more digit stays below the next power
 digit_more : (number digit i : ℕ) → number < 10 ^ i → digit < 10 → number * 10 + digit < 10 ^ (i + 1)

@@ -1,6 +1,6 @@
 use Rattle.std.proofs.Common.{◌≡◌, ◌^◌, ◌<◌, take}
 use Rattle.std.specs.Str.Parse.{digits_value}
-use Rattle.byte_grammar.proofs.number.number_of.Given as goal
+use Rattle.byte_grammar.proofs.number.number_of_digits.Given as goal
 
 abbrev pub invariant-loop-digit : goal.invariant-loop-digit
 invariant-loop-digit l = record {
